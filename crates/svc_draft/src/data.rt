@@ -1,38 +1,22 @@
 // The words of the text, and the bytes of the sections of data.
 
-ghost use Rattle.std.specs.Prelude.{◌≡◌, ◌+◌, ◌≤◌, take};
+ghost use Rattle.std.specs.Prelude.{◌≡◌, ◌≤◌};
 ghost use Rattle.svc_draft.specs.Drafts.{layout_of};
 ghost use Rattle.svc_layout.specs.Refusals.{Changes};
 ghost use Rattle.svc_layout.specs.Areas.{with_more, with_copies, number_bytes, width_size};
-ghost use Rattle.svc_layout.specs.Steps.{multiple};
 ghost use Rattle.svc_layout.specs.Places.{data_begin, bss_begin, data_size};
 ghost use Rattle.svc_layout.specs.Contents.{in_section, with_room, with_bytes, with_fill, with_words};
 ghost use Rattle.svc_layout.specs.Contents.{with_filling, with_step, with_part_step, with_padding, with_align};
 ghost use Rattle.svc_layout.specs.Contents.{with_instruction, with_value, with_word};
 
 use crate::draft::Draft;
+use crate::numbers::{eight_bytes, first_bytes, width_size};
+use crate::steps::{greater_step, multiple, padding, raise_step};
 use svc_image::MOST_WORDS;
-use svc_layout::{Refusal, Section, Width, eight_bytes, greater_step, padding};
+use svc_layout::{Refusal, Section, Width};
 
 /// The instruction that does nothing: addi x0, x0, 0.
 pub(crate) const NOP: u32 = 0x13;
-
-fn first_bytes(bytes: &[u8], size: u32) -> &[u8]
-    ensures { result.now ≡ take size bytes.now }
-{
-    let (first, _) = bytes.split_at(bytes.len().min(size as usize));
-    first
-}
-
-// The next multiple of a step from this size on, in bytes.
-fn multiple(step: u32, size: u32) -> u32
-    requires step { step ≤ 65536 }
-    requires size { size ≤ 1048576 }
-    ensures size { result ≡ multiple step size }
-    ensures near { result ≤ size + 65536 }
-{
-    size + padding(step, size)
-}
 
 impl<'a> Draft<'a> {
     pub(crate) fn data_begin(&self) -> u32
@@ -151,7 +135,7 @@ impl<'a> Draft<'a> {
         ensures { layout_of self.new ≡ with_part_step (layout_of self.old).section step (layout_of self.old) }
     {
         if !self.known {
-            self.source_read.steps.raise(self.section, step);
+            raise_step(&mut self.source_read.steps, self.section, step);
         }
     }
 
@@ -178,7 +162,7 @@ impl<'a> Draft<'a> {
             (with_bytes (number_bytes (width_size width) number) (layout_of self.old)) (layout_of self.new) }
     {
         let bytes = eight_bytes(number);
-        self.push_bytes(first_bytes(&bytes, width.size()))
+        self.push_bytes(first_bytes(&bytes, width_size(width)))
     }
 
     #[tactic(auto, unfolding(svc_layout::specs::Contents::with_value))]

@@ -2,12 +2,13 @@
 
 ghost use Rattle.std.specs.Prelude.{◌≡◌, ◌<◌, ◌≤◌, false, length, map, IfErr, OnOk};
 
+use crate::area::Area;
 use crate::making::Mark;
-use crate::sources::{SourceTables, shared_spot};
+use crate::sources::{SourceTables, linkage_binding, shared_spot};
 use std::alloc::Global;
 use std::collections::HashMap;
 use svc_image::{DATA_START, MOST_WORDS, Version};
-use svc_layout::{Area, Binding, Next, Refusal, Section, Spot, Statement, Width};
+use svc_layout::{Binding, Next, Refusal, Section, Spot, Statement, Width};
 
 /// What the lines read so far make, as a `Layout` says it.
 #[derive(Drop)]
@@ -350,7 +351,7 @@ impl<'a> Draft<'a> {
             }
             Statement::Turned(left) => return self.turn(left),
             Statement::Bound(linkage, next) => {
-                self.bind(name, linkage.binding())?;
+                self.bind(name, linkage_binding(linkage))?;
                 self.next = next;
             }
             Statement::NextText => return self.begin_text(),

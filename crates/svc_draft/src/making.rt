@@ -11,10 +11,11 @@ ghost use Rattle.svc_image.specs.declared.error.ImageError.TheVariants as image_
 ghost use Rattle.svc_layout.specs.declared.refusal.Refusal.TheVariants as refusal;
 ghost use Rattle.svc_image.specs.Image as value;
 
+use crate::area::data_of;
 use crate::draft::Draft;
 use std::alloc::{AllocError, Global};
 use svc_image::{Image, ImageError, Own, Parts, Version, read_words};
-use svc_layout::{Refusal, data_of};
+use svc_layout::Refusal;
 
 /// An entry.
 #[derive(Clone, Copy)]

@@ -3,11 +3,11 @@
 ghost use Rattle.std.specs.Prelude.{◌≡◌, ◌≤◌, map};
 ghost use Rattle.svc_draft.specs.Drafts.{source_of};
 ghost use Rattle.svc_layout.specs.Sources.{binding_with, binding_again, common_room, first_by, greater, greater_room};
-ghost use Rattle.svc_layout.specs.Sources.{has_strength, no_source, own_spot, shared_spot, spot_by};
+ghost use Rattle.svc_layout.specs.Sources.{has_strength, linkage_binding, no_source, own_spot, shared_spot, spot_by};
 
 use std::alloc::Global;
 use std::collections::HashMap;
-use svc_layout::{Binding, Local, Spot, Steps, Strength};
+use svc_layout::{Binding, Linkage, Local, Spot, Steps, Strength};
 
 /// What one text of a program has found, or has from the pass before.
 #[derive(Drop)]
@@ -16,6 +16,16 @@ pub struct SourceTables<'a> {
     pub(crate) bindings: HashMap<&'a [u8], Binding>,
     pub(crate) locals: Vec<Local>,
     pub(crate) steps: Steps,
+}
+
+pub(crate) fn linkage_binding(linkage: Linkage) -> Binding
+    ensures { result ≡ linkage_binding linkage }
+{
+    match linkage {
+        Linkage::Global => Binding::Global,
+        Linkage::Weak => Binding::Weak,
+        Linkage::Local => Binding::Local,
+    }
 }
 
 fn binding_again(old: Binding, new: Binding) -> Binding
@@ -74,7 +84,12 @@ impl<'a> SourceTables<'a> {
             names: HashMap::new(alloc),
             bindings: HashMap::new(alloc),
             locals: Vec::new(alloc),
-            steps: Steps::new(),
+            steps: Steps {
+                text_step: 4,
+                rodata_step: 1,
+                data_step: 1,
+                bss_step: 1,
+            },
         }
     }
 

@@ -9,9 +9,10 @@ ghost use Rattle.svc_layout.specs.Texts.{with_begin, with_next_text, with_part, 
 
 use crate::draft::Draft;
 use crate::sources::{SourceTables, common_room, first_by};
+use crate::steps::padding;
 use std::alloc::AllocError;
 use std::mem;
-use svc_layout::{Binding, Next, Refusal, Section, Steps, Strength, padding};
+use svc_layout::{Binding, Next, Refusal, Section, Steps, Strength};
 
 /// The most texts of a program. Each is looked at for every name that another one has, so that few bound the time.
 const MOST_TEXTS: usize = 256;

@@ -1,9 +1,4 @@
-// Sections of a program, places in them, and numbers as bytes.
-
-ghost use Rattle.std.specs.Prelude.{◌≡◌};
-ghost use Rattle.svc_layout.specs.Areas.{eight_bytes, width_size};
-
-use byteorder::{ByteOrder, LittleEndian};
+// Sections of a program, places in them, and how wide numbers are.
 
 /// A section of a program. Those of data stand one behind the other in the image, in this order.
 #[derive(Clone, Copy)]
@@ -36,27 +31,4 @@ pub enum Width {
     Half,
     /// Four, the lowest first.
     Word,
-}
-
-impl Width {
-    /// How many bytes that is.
-    pub fn size(self) -> u32
-        ensures { result ≡ width_size self }
-    {
-        match self {
-            Width::Byte => 1,
-            Width::Half => 2,
-            Width::Word => 4,
-        }
-    }
-}
-
-/// A number in eight bytes, the lowest first.
-#[tactic(auto, unfolding(svc_image::specs::Format::bytes_of_word))]
-pub fn eight_bytes(number: u32) -> [u8; 8]
-    ensures { result ≡ eight_bytes number }
-{
-    let mut eight = [0; 8];
-    LittleEndian::write_u32(&mut eight, number);
-    eight
 }

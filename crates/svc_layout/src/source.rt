@@ -1,8 +1,5 @@
 // How the texts of a program name places.
 
-ghost use Rattle.std.specs.Prelude.{◌≡◌};
-ghost use Rattle.svc_layout.specs.Sources.{linkage_binding};
-
 use crate::section::Spot;
 
 /// How other texts of a program find a name of one.
@@ -27,19 +24,6 @@ pub enum Linkage {
     Weak,
     /// `.local NAME`
     Local,
-}
-
-impl Linkage {
-    /// The binding of a name that a line gives this linkage.
-    pub fn binding(self) -> Binding
-        ensures { result ≡ linkage_binding self }
-    {
-        match self {
-            Linkage::Global => Binding::Global,
-            Linkage::Weak => Binding::Weak,
-            Linkage::Local => Binding::Local,
-        }
-    }
 }
 
 /// How strong a shared name is.

@@ -5,18 +5,18 @@ ghost use Rattle.svc_image.specs.declared.error.ImageError.TheVariants as image_
 ghost use Rattle.svc_layout.specs.Areas.{with_more, with_copies, fill_up, data_of};
 ghost use Rattle.svc_layout.specs.Refusals.{Changes, IsOfArea};
 
-use crate::refusal::Refusal;
 use crate::steps::padding;
 use std::alloc::Global;
 use std::marker::Model;
 use svc_image::{ImageError, MOST_WORDS};
+use svc_layout::Refusal;
 
 // The most bytes of an area.
 const MOST_BYTES: usize = 4 * MOST_WORDS as usize;
 
 /// The bytes of one section of data, at most 262,144.
 #[derive(Drop)]
-pub struct Area {
+pub(crate) struct Area {
     bytes: Vec<u8>,
 }
 
@@ -30,7 +30,7 @@ impl Model for Area {
 
 impl Area {
     /// No bytes yet.
-    pub fn new(alloc: Global) -> Area
+    pub(crate) fn new(alloc: Global) -> Area
         ensures { result ≡ [] }
     {
         Area {
@@ -39,7 +39,7 @@ impl Area {
     }
 
     /// How many bytes there are.
-    pub fn size(&self) -> u32
+    pub(crate) fn size(&self) -> u32
         ensures size { result ≡ length self.now }
         ensures few { result ≤ 262144 }
     {
@@ -49,8 +49,8 @@ impl Area {
     /// Puts bytes behind the others.
     ///
     /// Errors: [`Refusal::FullData`] where there is no room for all, and [`Refusal::Memory`].
-    #[tactic(auto, unfolding(crate::specs::Areas::with_more))]
-    pub fn push(&mut self, more: &[u8]) -> Result<(), Refusal>
+    #[tactic(auto, unfolding(svc_layout::specs::Areas::with_more))]
+    pub(crate) fn push(&mut self, more: &[u8]) -> Result<(), Refusal>
         ensures done { Changes result (with_more more.now self.old) self.new }
         ensures refusal { IfErr result IsOfArea }
         ensures unchanged { OnErr result (self.new ≡ self.old) }
@@ -66,7 +66,7 @@ impl Area {
     ///
     /// Errors: as [`Area::push`].
     #[tactic(auto, using(crate::proofs::Copies::copies_on, crate::proofs::Copies::copies_refused, crate::proofs::Copies::copies_done))]
-    pub fn push_copies(&mut self, count: u32, unit: &[u8]) -> Result<(), Refusal>
+    pub(crate) fn push_copies(&mut self, count: u32, unit: &[u8]) -> Result<(), Refusal>
         ensures done { Changes result (with_copies count unit.now self.old) self.new }
         ensures refusal { IfErr result IsOfArea }
     {
@@ -80,7 +80,7 @@ impl Area {
 }
 
 // Puts zeros behind bytes up to a multiple of a step.
-#[tactic(auto, unfolding(crate::specs::Areas::fill_up))]
+#[tactic(auto, unfolding(svc_layout::specs::Areas::fill_up))]
 fn fill_up(all: &mut Vec<u8>, step: u32) -> Result<(), ImageError>
     requires step { step ≤ 65536 }
     requires all { length all.old.items ≤ 1048576 }
@@ -99,8 +99,8 @@ fn fill_up(all: &mut Vec<u8>, step: u32) -> Result<(), ImageError>
 /// words, and at least one word.
 ///
 /// Errors: [`ImageError::Memory`].
-#[tactic(auto, unfolding(crate::specs::Areas::data_of))]
-pub fn data_of(
+#[tactic(auto, unfolding(svc_layout::specs::Areas::data_of))]
+pub(crate) fn data_of(
     alloc: Global,
     data_step: u32,
     bss_step: u32,

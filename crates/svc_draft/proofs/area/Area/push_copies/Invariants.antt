@@ -1,6 +1,6 @@
 use Rattle.std.proofs.Common.{◌≡◌}
 use Rattle.svc_layout.specs.Areas.{with_copies}
-use Rattle.svc_layout.proofs.area.Area.push_copies.Given as goal
+use Rattle.svc_draft.proofs.area.Area.push_copies.Given as goal
 
 -- what the copies that are left make, all of them make
 abbrev pub invariant-loop-left : goal.invariant-loop-left

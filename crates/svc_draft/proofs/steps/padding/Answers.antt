@@ -1,6 +1,6 @@
 use Rattle.std.proofs.Common.{◌≡◌, ◌-◌, ◌%◌, ◌<◌, arith, rules}
 use Rattle.std.proofs.Math.Nat.{mod-eq_of_lt}
-use Rattle.svc_layout.proofs.steps.padding.Goals as goal
+use Rattle.svc_draft.proofs.steps.padding.Goals as goal
 
 -- what is left of a step behind a rest of it is less than the step
 pub returns-in_default : goal.returns-in_default
