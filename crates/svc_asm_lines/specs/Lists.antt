@@ -11,7 +11,7 @@ use Rattle.svc_layout.specs.Options.{◌>>=◌}
 use Rattle.svc_layout.specs.Layouts.{Layout}
 use Rattle.svc_tokens.specs.Characters.{found, mark_at}
 use Rattle.svc_tokens.specs.Tokens.{Read}
-use Rattle.svc_operands.specs.Expressions.{expression_at}
+use Rattle.svc_expressions.specs.Expressions.{expression_at}
 use Rattle.svc_asm_lines.specs.Statements.{begun_at, end_at}
 
 -- how far below 0 a number of so many bytes may be

@@ -18,7 +18,7 @@ use Rattle.svc_image.specs.declared.version.Version.TheVariants as version
 use Rattle.svc_layout.specs.declared.statement.Statement.{Statement}
 use Rattle.svc_layout.specs.declared.statement.Statement.TheVariants as say
 use Rattle.svc_tokens.specs.Tokens.{Read, first_register_at}
-use Rattle.svc_operands.specs.Numbers.{number_below, signed_at}
+use Rattle.svc_expressions.specs.Numbers.{number_below, signed_at}
 use Rattle.svc_asm_lines.specs.declared.directives.Number.{Number}
 use Rattle.svc_asm_lines.specs.declared.directives.Number.TheVariants as number
 use Rattle.svc_layout.specs.declared.section.Width.TheVariants as wide
@@ -29,7 +29,8 @@ use Rattle.svc_layout.specs.Layouts.{Layout}
 use Rattle.svc_asm_lines.specs.declared.line.Passed.{Passed}
 use Rattle.svc_asm_lines.specs.declared.line.Passed.TheVariants as passed
 use Rattle.svc_asm_lines.specs.declared.directives.Says.TheVariants as says
-use Rattle.svc_operands.specs.Values.{bits_of, value_at}
+use Rattle.svc_expressions.specs.Signed.{bits_of}
+use Rattle.svc_expressions.specs.Expressions.{value_at}
 
 -- what a directive says
 abbrev pub says_in : List Directive → List ℕ → Option Says

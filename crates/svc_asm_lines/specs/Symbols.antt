@@ -15,8 +15,8 @@ use Rattle.svc_layout.specs.Places.{spot_here}
 use Rattle.svc_layout.specs.Addresses.{spot_of}
 use Rattle.svc_tokens.specs.Characters.{found, name_at, past_name, mark_at}
 use Rattle.svc_tokens.specs.Tokens.{Read}
-use Rattle.svc_operands.specs.Numbers.{number_below}
-use Rattle.svc_operands.specs.Expressions.{expression_at, added_at}
+use Rattle.svc_expressions.specs.Numbers.{number_below}
+use Rattle.svc_expressions.specs.Expressions.{expression_at, added_at}
 use Rattle.svc_asm_lines.specs.Lists.{going_at}
 use Rattle.svc_asm_lines.specs.Statements.{end_at, is_label}
 

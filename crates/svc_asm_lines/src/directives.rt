@@ -6,10 +6,10 @@ ghost use Rattle.svc_asm_lines.specs.Statements.{says_in, said_by, section_in, s
 ghost use Rattle.svc_asm_lines.specs.Statements.{number_or, zeros_at, fill_at};
 ghost use Rattle.svc_tokens.specs.Tokens.{Gives};
 
+use svc_expressions::{bits_of, read_count, read_signed};
 use svc_image::Version;
 use svc_layout::Ending::{Bare, Zero};
 use svc_layout::{Linkage, Next, Section, Statement, Width};
-use svc_operands::{bits_of, read_count, read_signed};
 use svc_tokens::{Name, Read, Wanted, letters_of, skip_mark, split_name, stopped_at};
 
 /// What a directive says, and what it reads.

@@ -15,9 +15,9 @@ use crate::directives::{
 };
 use memchr::memchr;
 use svc_draft::Draft;
+use svc_expressions::read_value;
 use svc_instructions::read_instruction;
 use svc_layout::{Next, Statement, Width};
-use svc_operands::read_value;
 use svc_tokens::{
     Radix, Read, TEXT_END, Unread, Wanted, opens, read_first_register, read_mark, skip_mark,
     skip_spaces, split_name, stopped_at, stopped_at_name, value_of,

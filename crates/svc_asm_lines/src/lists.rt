@@ -7,8 +7,8 @@ ghost use Rattle.svc_draft.specs.Drafts.{layout_of};
 
 use crate::line::{read_begun, read_end};
 use svc_draft::Draft;
+use svc_expressions::read_expression;
 use svc_layout::{Next, Statement, Width};
-use svc_operands::read_expression;
 use svc_tokens::{Read, Wanted, skip_mark, stopped_at};
 
 fn half(width: Width) -> u32

@@ -10,8 +10,8 @@ ghost use Rattle.svc_draft.specs.Drafts.{layout_of};
 use crate::line::{is_label, read_end};
 use crate::lists::{low, read_going};
 use svc_draft::Draft;
+use svc_expressions::{read_added, read_count, read_expression};
 use svc_layout::{Linkage, Next, Section, Spot, Statement};
-use svc_operands::{read_added, read_count, read_expression};
 use svc_tokens::{Read, Unread, Wanted, read_mark, skip_mark, split_name, stopped_at};
 
 #[tactic(auto, unfolding(crate::specs::Symbols::spot_named))]

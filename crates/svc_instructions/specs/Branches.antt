@@ -10,7 +10,7 @@ use Rattle.svc_layout.specs.Layouts.{Layout}
 use Rattle.svc_layout.specs.Notes.{is_turned}
 use Rattle.svc_tokens.specs.Characters.{name_at, found}
 use Rattle.svc_tokens.specs.Tokens.{Read}
-use Rattle.svc_operands.specs.Values.{jump_behind_at}
+use Rattle.svc_instructions.specs.Offsets.{jump_behind_at}
 use Rattle.svc_instructions.specs.declared.table.Part.{Part}
 use Rattle.svc_instructions.specs.declared.table.Part.TheVariants as part
 use Rattle.svc_instructions.specs.declared.table.Row.{Row}

@@ -8,8 +8,9 @@ use Rattle.svc_layout.specs.Options.{◌>>=◌}
 use Rattle.svc_layout.specs.Layouts.{Layout}
 use Rattle.svc_tokens.specs.Characters.{name_at, past_name, mark_at, number_of, found, is_over}
 use Rattle.svc_tokens.specs.Tokens.{Read, register_at, first_register_at}
-use Rattle.svc_operands.specs.Numbers.{signed_at}
-use Rattle.svc_operands.specs.Values.{value_at, bits_within, high_part, from_here, relative_at}
+use Rattle.svc_expressions.specs.Numbers.{signed_at}
+use Rattle.svc_expressions.specs.Expressions.{value_at}
+use Rattle.svc_instructions.specs.Immediates.{bits_within, high_part, from_here, relative_at}
 use Rattle.svc_instructions.specs.declared.table.Couple.{Couple}
 use Rattle.svc_instructions.specs.declared.table.Part.TheVariants as part
 use Rattle.svc_instructions.specs.Instructions.{with_part, alone_at}

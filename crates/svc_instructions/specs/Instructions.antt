@@ -5,14 +5,15 @@ use Rattle.svc_layout.specs.Options.{◌>>=◌}
 use Rattle.svc_tokens.specs.Characters.{name_at, past_name, mark_at, found, is_over}
 use Rattle.svc_tokens.specs.Names.{number_named}
 use Rattle.svc_tokens.specs.Tokens.{Read, register_at, base_at}
-use Rattle.svc_operands.specs.Numbers.{number_below}
+use Rattle.svc_expressions.specs.Numbers.{number_below}
 use Rattle.svc_instructions.specs.declared.reading.TheConstants.{ORDERS}
 use Rattle.std.specs.List.{find}
 use Rattle.std.specs.Str.{bytes_eq}
 use Rattle.svc_layout.specs.declared.statement.Statement.{Statement}
 use Rattle.svc_layout.specs.declared.statement.Statement.TheVariants as say
 use Rattle.svc_layout.specs.Layouts.{Layout}
-use Rattle.svc_operands.specs.Values.{branch_at, jump_at, short_at, upper_at}
+use Rattle.svc_instructions.specs.Immediates.{short_at, upper_at}
+use Rattle.svc_instructions.specs.Offsets.{branch_at, jump_at}
 use Rattle.svc_instructions.specs.declared.table.Part.{Part}
 use Rattle.svc_instructions.specs.declared.table.Part.TheVariants as part
 use Rattle.svc_instructions.specs.declared.table.Row.{Row}

@@ -8,11 +8,11 @@ ghost use Rattle.svc_instructions.specs.Instructions.{parts_of};
 ghost use Rattle.svc_instructions.specs.Branches.{opposite, over_jump, is_two, far_target_at, is_branch};
 ghost use Rattle.svc_instructions.specs.Branches.{far_parts_at, is_named, row_named, far_at};
 
+use crate::offsets::read_jump_behind;
 use crate::reading::{further, read_part, with_part};
 use crate::table::{ALIASES, Part, ROWS, Row, parts_of};
 use svc_draft::Draft;
 use svc_layout::Statement;
-use svc_operands::read_jump_behind;
 use svc_tokens::{Name, Read, Unread, Wanted, is_over, is_word, split_name, stopped_at};
 
 // The word of jal where each operand is 0.

@@ -11,11 +11,12 @@ ghost use Rattle.svc_instructions.specs.Couples.{access_at, alone_on_line, longe
 ghost use Rattle.svc_instructions.specs.Couples.{relative_upper_at, single_at, instruction_at};
 
 use crate::branch::read_far;
+use crate::immediates::{bits_within, from_here, high_part, read_relative};
 use crate::reading::{further, read_alone, with_part};
 use crate::table::{COUPLES, Couple, LOADS, Part, STORES, Through};
 use svc_draft::Draft;
+use svc_expressions::{read_signed, read_value};
 use svc_layout::Statement;
-use svc_operands::{bits_within, from_here, high_part, read_relative, read_signed, read_value};
 use svc_tokens::{
     Name, Read, Unread, Wanted, is_over, is_word, letters_of, number_named, number_of,
     read_first_register, read_mark, read_register, skip_mark, split_name, stopped_at,

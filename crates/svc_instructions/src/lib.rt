@@ -3,7 +3,10 @@
 
 mod branch;
 mod couple;
+mod immediates;
+mod offsets;
 mod reading;
+mod steps;
 mod table;
 
 pub use couple::read_instruction;

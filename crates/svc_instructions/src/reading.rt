@@ -9,10 +9,12 @@ ghost use Rattle.svc_instructions.specs.Instructions.{part_number, with_funct3, 
 ghost use Rattle.svc_draft.specs.Drafts.{layout_of};
 ghost use Rattle.std.specs.List.{find};
 
+use crate::immediates::{read_short, read_upper};
+use crate::offsets::{read_branch, read_jump};
 use crate::table::{ALIASES, Part, ROWS, Row, parts_of};
 use svc_draft::Draft;
+use svc_expressions::read_below;
 use svc_layout::Statement;
-use svc_operands::{read_below, read_branch, read_jump, read_short, read_upper};
 use svc_tokens::{
     Name, Named, Read, Unread, Wanted, is_over, number_named, read_base, read_mark, read_register,
     split_name, stopped_at,

@@ -1,20 +1,21 @@
 -- A branch or a jump is read back from its target's label, in the second pass; in the first one it leads nowhere yet.
 use Rattle.std.proofs.Common.{◌≡◌, ℕ, suc, ◌+◌, ◌*◌, ◌-◌, ◌%◌, ◌^◌, ◌<◌, ◌≤◌, Bool, true, false, if◌then◌else◌, nat_lt, nat_le, List, ◌∷◌, ◌++◌, Option, Some, None, inl, inr, refl, ap, sym, ◌∙◌, arith}
 use Rattle.std.proofs.lemmas.Bool.{le-leb, lt-leb, cases_lt, cases_Bool}
-use Rattle.svc_tokens.specs.declared.signed.Signed.{Signed}
+use Rattle.svc_expressions.specs.declared.signed.Signed.{Signed}
 use Rattle.svc_layout.specs.Layouts.{Layout}
 use Rattle.svc_layout.specs.Places.{here, place}
 use Rattle.svc_layout.specs.Addresses.{address_of, known_spot}
 use Rattle.svc_tokens.specs.Characters.{past_blanks, past, name_at, number_of, value_on, push_digit, digit, character_at}
-use Rattle.svc_operands.specs.Places.{reference_named, place_of}
-use Rattle.svc_operands.specs.Expressions.{plain_at, operand_at}
-use Rattle.svc_operands.specs.Values.{value_at, reach, reach_at, offset_at, target_at}
-use Rattle.svc_operands.proofs.Operators.{alone}
+use Rattle.svc_expressions.specs.Places.{reference_named, place_of}
+use Rattle.svc_expressions.specs.Expressions.{plain_at, operand_at}
+use Rattle.svc_expressions.specs.Expressions.{value_at}
+use Rattle.svc_instructions.specs.Offsets.{reach, reach_at, offset_at, target_at}
+use Rattle.svc_expressions.proofs.ExpressionSteps.{alone}
 use Rattle.std.specs.Prelude.{option_map}
 use Rattle.svc_layout.specs.declared.section.Spot.{Spot}
 use Rattle.svc_tokens.specs.Tokens.{number_at}
-use Rattle.svc_tokens.specs.Signed.{distance}
-use Rattle.svc_operands.specs.Steps.{steps_of}
+use Rattle.svc_instructions.specs.Steps.{distance}
+use Rattle.svc_instructions.specs.Steps.{steps_of}
 use Rattle.svc_list.specs.Listings.{hex_text, label_text, step_target}
 use Rattle.svc_list.proofs.NamesBack.{stops, Ends, at_name, at_rest}
 use Rattle.svc_list.proofs.OperandsBack.{sign, halved_double, wrapped_low, wrapped_high}

@@ -5,10 +5,10 @@ use Rattle.std.specs.Prelude.{option_map}
 use Rattle.svc_layout.specs.Layouts.{Layout}
 use Rattle.svc_tokens.specs.Characters.{past_blanks, past_spaces}
 use Rattle.svc_tokens.specs.Tokens.{Read}
-use Rattle.svc_tokens.specs.Operators.{operator_at, result_of, below_zero}
-use Rattle.svc_operands.specs.Expressions.{added_at, operators_on, plain_at, operand_from, operand_at, expression_at}
-use Rattle.svc_operands.specs.Numbers.{number_below, signed_of, signed_at}
-use Rattle.svc_operands.proofs.Operators.{alone, operators_over}
+use Rattle.svc_expressions.specs.Operators.{operator_at, result_of, below_zero}
+use Rattle.svc_expressions.specs.Expressions.{added_at, operators_on, plain_at, operand_from, operand_at, expression_at}
+use Rattle.svc_expressions.specs.Numbers.{number_below, signed_of, signed_at}
+use Rattle.svc_expressions.proofs.ExpressionSteps.{alone, operators_over}
 use Rattle.svc_list.proofs.NamesBack.{stops, no_slash, no_space, is_digit, all_digits, first_digit, digits_dense, digit_no_minus, numerals}
 use Rattle.svc_list.proofs.NumbersBack.{number_back, no_tilde, no_plus, no_open}
 

@@ -15,7 +15,7 @@ use Rattle.svc_layout.specs.declared.statement.Statement.TheVariants as say
 use Rattle.svc_tokens.specs.Characters.{is_name, past, past_name, behind}
 use Rattle.svc_layout.specs.Layouts.{Layout}
 use Rattle.svc_instructions.specs.Couples.{instruction_at}
-use Rattle.svc_tokens.specs.Operators.{operator_at}
+use Rattle.svc_expressions.specs.Operators.{operator_at}
 use Rattle.svc_tokens.specs.Names.{letters_of}
 use Rattle.svc_asm_lines.specs.Statements.{said_by, numbered_at, said_at, entry_before, directive_at, statement_at, ended_at, line_at}
 use Rattle.svc_asm_lines.specs.declared.directives.Number.TheVariants as number

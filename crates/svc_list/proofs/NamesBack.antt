@@ -7,7 +7,7 @@ use Rattle.std.proofs.lemmas.List.{length-append}
 use Rattle.svc_layout.specs.Options.{◌>>=◌}
 use Rattle.svc_tokens.specs.declared.characters.TheConstants.{TEXT_END}
 use Rattle.svc_tokens.specs.Characters.{is_space, opens, is_name, past_blanks, past_spaces, begins_over, is_over, past, name_at, past_name, behind, digit, push_digit, value_on, behind_zero, number_of}
-use Rattle.svc_tokens.specs.Operators.{operator_at}
+use Rattle.svc_expressions.specs.Operators.{operator_at}
 use Rattle.svc_asm_lines.specs.Statements.{behind_end, end_at}
 
 -- a space, or the slash that opens a comment

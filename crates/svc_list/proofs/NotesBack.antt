@@ -5,7 +5,7 @@ use Rattle.std.specs.Fmt.{digit_glyph, digits, digits_onto}
 use Rattle.std.specs.List.{AllByRecursion}
 use Rattle.std.proofs.lemmas.Bool.{le-leb, lt-leb, cases_lt, cases_eq, ne_eqb}
 use Rattle.svc_tokens.specs.Characters.{is_name, past_blanks, past}
-use Rattle.svc_tokens.specs.Operators.{operator_at}
+use Rattle.svc_expressions.specs.Operators.{operator_at}
 use Rattle.svc_asm_lines.specs.Statements.{is_inside, end_at}
 use Rattle.svc_names.specs.declared.name.Name.{Name}
 use Rattle.svc_names.specs.declared.names.Names.{Names}

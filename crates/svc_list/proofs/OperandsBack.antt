@@ -4,15 +4,18 @@ use Rattle.std.proofs.lemmas.Bool.{le-leb, lt-leb, cases_lt, cases_eq, ne_eqb}
 use Rattle.std.proofs.lemmas.List.{append_assoc}
 use Rattle.svc_rv32i.specs.declared.instr.Register.{Register}
 use Rattle.svc_rv32i.specs.Meaning.{register}
-use Rattle.svc_tokens.specs.declared.signed.Signed.{Signed}
+use Rattle.svc_expressions.specs.declared.signed.Signed.{Signed}
 use Rattle.svc_tokens.specs.Characters.{is_name, past_blanks, past, behind, mark_at, value_on, long_of, value_of}
 use Rattle.svc_layout.specs.Layouts.{Layout}
 use Rattle.svc_tokens.specs.Names.{x_number, register_named}
 use Rattle.svc_tokens.specs.Tokens.{register_at, first_register_at}
-use Rattle.svc_operands.specs.Steps.{signed_bits, half_of, steps_of}
-use Rattle.svc_tokens.specs.Operators.{operator_at}
-use Rattle.svc_operands.specs.Numbers.{number_short_at, number_below}
-use Rattle.svc_operands.specs.Values.{offset_from, offset_at, target_at, value_at, short_at, upper_at}
+use Rattle.svc_instructions.specs.Steps.{signed_bits, half_of, steps_of}
+use Rattle.svc_expressions.specs.Operators.{operator_at}
+use Rattle.svc_expressions.specs.Numbers.{number_below}
+use Rattle.svc_instructions.specs.Immediates.{number_short_at}
+use Rattle.svc_expressions.specs.Expressions.{value_at}
+use Rattle.svc_instructions.specs.Immediates.{short_at, upper_at}
+use Rattle.svc_instructions.specs.Offsets.{offset_from, offset_at, target_at}
 use Rattle.svc_list.proofs.NumbersBack.{no_percent}
 use Rattle.svc_list.proofs.ExpressionsBack.{spaced_expression_back, count_back, signed_low, signed_high, signed_back, minus_back, plus_back, less_back}
 use Rattle.svc_list.specs.Listings.{register_text, first_text, short_text, offset_text, upper_text}

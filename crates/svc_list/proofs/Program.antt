@@ -29,7 +29,7 @@ use Rattle.svc_layout.specs.Texts.{with_source}
 use Rattle.svc_layout.specs.Images.{IsMadeOf}
 use Rattle.svc_image.proofs.Wordwise.{length-bytes_of_words}
 use Rattle.svc_tokens.specs.Characters.{is_name, past_name, behind}
-use Rattle.svc_operands.specs.Values.{value_at}
+use Rattle.svc_expressions.specs.Expressions.{value_at}
 use Rattle.svc_tokens.specs.Names.{letters_of}
 use Rattle.svc_asm_lines.specs.Statements.{said_by, said_at, directive_at, statement_at, line_at}
 use Rattle.svc_asm.specs.Programs.{IsProgramOf}

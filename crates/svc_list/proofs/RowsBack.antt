@@ -16,8 +16,8 @@ use Rattle.svc_layout.specs.Notes.{is_turned}
 use Rattle.svc_tokens.specs.Characters.{is_name, past_blanks, name_at, past_name, behind, found}
 use Rattle.svc_tokens.specs.Names.{letters_of}
 use Rattle.svc_tokens.specs.Tokens.{first_register_at, base_at}
-use Rattle.svc_tokens.specs.Operators.{operator_at}
-use Rattle.svc_operands.specs.Values.{reach, target_at, is_far, branch_at}
+use Rattle.svc_expressions.specs.Operators.{operator_at}
+use Rattle.svc_instructions.specs.Offsets.{reach, target_at, is_far, branch_at}
 use Rattle.svc_instructions.specs.declared.table.Part.{Part}
 use Rattle.svc_instructions.specs.declared.table.Part.TheVariants as part
 use Rattle.svc_instructions.specs.declared.table.Row.{Row}

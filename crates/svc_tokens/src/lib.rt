@@ -1,10 +1,8 @@
-//! What a line of assembly is made of: spaces and comments, names, marks, numbers, characters, registers and operators.
+//! What a line of assembly is made of: spaces and comments, names, marks, numbers, characters and registers.
 #![tactic(auto)]
 
 mod characters;
 mod names;
-mod operators;
-mod signed;
 mod tokens;
 mod unread;
 
@@ -13,7 +11,5 @@ pub use characters::{
     value_of,
 };
 pub use names::{Name, Named, REGISTERS, is_word, letters_of, number_named, register};
-pub use operators::{Operation, Operator, operator_at, result_of};
-pub use signed::{Signed, distance};
 pub use tokens::{read_base, read_first_register, read_mark, read_number, read_register};
 pub use unread::{Read, Unread, Wanted, stopped_at, stopped_at_name};

@@ -1,0 +1,5 @@
+pub mod Signed
+pub mod Operators
+pub mod Places
+pub mod Expressions
+pub mod Numbers
