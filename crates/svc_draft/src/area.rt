@@ -1,6 +1,6 @@
 // The bytes of one section of data, and those of all of them.
 
-ghost use Rattle.std.specs.Prelude.{◌≡◌, ◌+◌, ◌%◌, ◌≤◌, List, ℕ, [], length, OnOk, OnErr, IfOk, IfErr};
+ghost use Rattle.std.specs.Prelude.{◌≡◌, ◌+◌, ◌%◌, ◌++◌, ◌≤◌, List, ℕ, [], length, OnOk, OnErr, IfOk, IfErr};
 ghost use Rattle.svc_image.specs.declared.error.ImageError.TheVariants as image_error;
 ghost use Rattle.svc_layout.specs.Areas.{with_more, with_copies, fill_up, data_of};
 ghost use Rattle.svc_layout.specs.Refusals.{Changes, IsOfArea};
@@ -79,16 +79,17 @@ impl Area {
     }
 }
 
-// Puts zeros behind bytes up to a multiple of a step.
+// Puts the bytes of an area behind others, and zeros up to a multiple of a step.
 #[tactic(auto, unfolding(svc_layout::specs::Areas::fill_up))]
-fn fill_up(all: &mut Vec<u8>, step: u32) -> Result<(), ImageError>
+fn push_area(all: &mut Vec<u8>, area: &Area, step: u32) -> Result<(), ImageError>
     requires step { step ≤ 65536 }
-    requires all { length all.old.items ≤ 1048576 }
-    ensures ok { OnOk result (all.new.items ≡ fill_up step all.old.items) }
-    ensures few { length all.new.items ≤ length all.old.items + 65536 }
+    requires all { length all.old.items ≤ 655360 }
+    ensures ok { OnOk result (all.new.items ≡ fill_up step (all.old.items ++ area.now)) }
+    ensures few { length all.new.items ≤ length all.old.items + 327680 }
     ensures whole { OnOk result (step ≡ 4 → length all.new.items % 4 ≡ 0) }
     ensures err { IfErr result (λ e. e ≡ image_error.Memory) }
 {
+    all.extend_from_slice(&area.bytes)?;
     let size = all.len();
     let zeros = padding(step, size as u32);
     all.resize(size + zeros as usize, 0)?;
@@ -115,12 +116,9 @@ pub(crate) fn data_of(
     ensures err { IfErr result (λ e. e ≡ image_error.Memory) }
 {
     let mut all = Vec::new(alloc);
-    all.extend_from_slice(&rodata.bytes)?;
-    fill_up(&mut all, data_step)?;
-    all.extend_from_slice(&middle.bytes)?;
-    fill_up(&mut all, bss_step)?;
-    all.extend_from_slice(&bss.bytes)?;
-    fill_up(&mut all, 4)?;
+    push_area(&mut all, rodata, data_step)?;
+    push_area(&mut all, middle, bss_step)?;
+    push_area(&mut all, bss, 4)?;
     if all.is_empty() {
         all.extend_from_slice(&[0, 0, 0, 0])?;
     }
